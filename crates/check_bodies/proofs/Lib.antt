@@ -1,0 +1,3 @@
+pub mod PuttingOff
+pub mod Setting
+pub mod Tasks

@@ -47,7 +47,8 @@ impl<'a> Work for Bodies<'a> {
     }
 
     fn run<'b>(&'b self, alloc: Global, number: u32, hint: Option<&'b ()>) -> Result<Numbered, Memory> {
-        let _ = (alloc, hint);
+        let _ = alloc;
+        let _ = hint;
         let body = &self.bodies[number as usize];
         let scope = body.scope(self.state, self.round);
         match judged_body(&scope, self.round, body.heading.outcome, body.tree) {

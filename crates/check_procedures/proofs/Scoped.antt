@@ -35,7 +35,7 @@ use Rattle.check_procedures.proofs.Opens.{still_open}
 use Rattle.check_making.proofs.headings.Heads.{by_given as came}
 
 module _ (r : Surroundings) (tree : ProcedureTree) where
-  abbrev Opens : Building → Building → Result OpenProcedure CheckFault → Type 0
+  abbrev pub Opens : Building → Building → Result OpenProcedure CheckFault → Type 0
   Opens s a result = (m : Making) → Represents r s m → Answers (IsOpened r a) (opening r.source.now (out-Procedure tree).name (plain_option plain_formals (out-Procedure tree).formals) m) result
 
   abbrev Closes : Building → Building → OpenProcedure → Result (Unit {0}) CheckFault → Type 0
@@ -45,13 +45,13 @@ module _ (r : Surroundings) (tree : ProcedureTree) where
   not_opened h = λ c m represents up. as_judged (tree_is r.source.now tree m) (stop _ _ (h m represents))
 
   module _ (scope : Surroundings) (o : OpenProcedure) (is : scope ≡ deeper r o.outer.depth) (s a : Building) (opens : Opens s a (Ok o)) where
-    abbrev Inner : Building → Result (Unit {0}) CheckFault → Type 0
+    abbrev pub Inner : Building → Result (Unit {0}) CheckFault → Type 0
     Inner b result = BuildsUpright scope a b (decls_part scope.source.now (plain_decls (out-Procedure tree).decls)) result
 
-    in_scope : {b : Building} {result : Result (Unit {0}) CheckFault} → Inner b result → BuildsUpright (deeper r o.outer.depth) a b (decls_part r.source.now (plain_decls (out-Procedure tree).decls)) result
+    pub in_scope : {b : Building} {result : Result (Unit {0}) CheckFault} → Inner b result → BuildsUpright (deeper r o.outer.depth) a b (decls_part r.source.now (plain_decls (out-Procedure tree).decls)) result
     in_scope {b = b} {result = result} h = subst (λ z. BuildsUpright z a b (decls_part z.source.now (plain_decls (out-Procedure tree).decls)) result) is h
 
-    inner_upright : (c : SoFar) (m : Making) (j : JudgedOpen) → opening r.source.now (out-Procedure tree).name (plain_option plain_formals (out-Procedure tree).formals) m ≡ Keeps j → Upright c m → Upright c j.inner
+    pub inner_upright : (c : SoFar) (m : Making) (j : JudgedOpen) → opening r.source.now (out-Procedure tree).name (plain_option plain_formals (out-Procedure tree).formals) m ≡ Keeps j → Upright c m → Upright c j.inner
     inner_upright c m j e up = given_so j e (opening_upright r.source.now c (out-Procedure tree).name (plain_option plain_formals (out-Procedure tree).formals) m up)
 
     pub inner_under_way : IsUnderWay r s → IsSettled (deeper r o.outer.depth) a.declaring → IsUnderWay scope a
