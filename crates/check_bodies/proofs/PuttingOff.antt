@@ -12,14 +12,12 @@ use Rattle.ob_judge.specs.Modules.{SoFar}
 use Rattle.ob_judge.specs.Parameters.{Listed, stand}
 use Rattle.ob_judge.specs.Declarations.{heading, decls_part}
 use Rattle.judged_outlines.specs.Upright.{Upright}
-use Rattle.judged_outlines.proofs.Uprights.{decls_upright}
-use Rattle.judged_well.specs.Gives.{Gives}
 use Rattle.judged_modules.specs.steps.Procedures.{OneProcedure, plain_procedure}
 use Rattle.judged_modules.specs.steps.Frames.{entered}
 use Rattle.judged_modules.proofs.steps.Laws.{then_then, then_same}
 use Rattle.judged_modules.proofs.steps.Parts.{procedure_parts}
 use Rattle.judged_modules.proofs.steps.FrameTypes.{m_decls}
-use Rattle.later_bodies.specs.Waiting.{Waiting, put_off, put_aside}
+use Rattle.later_bodies.specs.Waiting.{Waiting, put_off}
 use Rattle.table_builder.specs.Builder.{IsBuilt}
 use Rattle.table_builder.specs.Growing.{Grows}
 use Rattle.check_making.specs.declared.making.Surroundings.{Surroundings}

@@ -1,9 +1,8 @@
 -- A procedure whose scope is closed, and what waits then.
-use Rattle.std.proofs.Common.{◌≡◌, ℕ, suc, List, [], ◌∷◌, ◌++◌, map, length, Option, Some, refl, sym, ap, ap₂, ◌∙◌, subst}
+use Rattle.std.proofs.Common.{◌≡◌, ℕ, suc, List, [], ◌∷◌, ◌++◌, map, length, Option, refl, sym, ap, ap₂, ◌∙◌, subst}
 use Rattle.std.specs.Prelude.{Vec}
 use Rattle.std.specs.Global.{Global}
 use Rattle.ob_types.specs.declared.characters.Characters.{Characters}
-use Rattle.ob_types.specs.Table.{Table}
 use Rattle.ob_types.specs.declared.program.Procedure.{Procedure}
 use Rattle.ob_judge.specs.Image.{Procedure as JudgedProcedure}
 use Rattle.ob_judge.specs.Making.{Making, last_names}
@@ -27,7 +26,7 @@ use Rattle.check_making.specs.declared.making.Surroundings.{Surroundings}
 use Rattle.check_making.specs.Staying.{LevelStays, LevelsStay}
 use Rattle.check_making.specs.Making.{table_of, strings_of, Makes, IsSettled}
 use Rattle.check_making.specs.declared.scopes.building.Building.{Building}
-use Rattle.check_making.specs.scopes.Building.{TheyStandFor, Represents}
+use Rattle.check_making.specs.scopes.Building.{TheyStandFor}
 use Rattle.check_making.specs.scopes.Numbers.{AreNumbersOf}
 use Rattle.check_making.specs.scopes.Scopes.{deeper, IsOuter}
 use Rattle.check_procedures.specs.declared.opening.OpenProcedure.{OpenProcedure}

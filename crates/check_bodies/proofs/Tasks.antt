@@ -1,14 +1,28 @@
 -- What the tasks of bodies give, once all have ended.
-use Rattle.std.proofs.Common.{◌≡◌, ℕ, zero, suc, ◌<◌, List, [], ◌∷◌, length, get_or, Option, Some, None, refl, sym, ap, ◌∙◌, arith}
-use Rattle.std.specs.Prelude.{slice_get, IfOk, Result, Ok, Err, Vec}
-use Rattle.std.specs.Global.{Global}
+use Rattle.std.proofs.Common.{◌≡◌, ℕ, zero, suc, ◌<◌, List, [], ◌∷◌, length, get_or, Option, Some, None, refl, sym, ap, ◌∙◌, subst, arith}
+use Rattle.std.specs.Prelude.{slice_get, Ok}
 use Rattle.std.proofs.lemmas.Option.{same_Some, slice_get_read}
 use mathlib.Core.Option.{some, some-injective, some-ne-none}
 use lib.ListN.{get_elem?}
 use Rattle.pool_core.specs.Tree.{IsTree}
 use Rattle.pool_core.specs.Fits.{FitsAt}
 use Rattle.check_bodies.specs.declared.body.Body.{Body}
-use Rattle.check_bodies.specs.Waits.{no_parents}
+use Rattle.check_bodies.specs.Waits.{no_parents, world_inside, IsJudged, IsJudgedAt}
+use Rattle.ob_judge.specs.Making.{Making}
+use Rattle.ob_judge.specs.Parameters.{Listed}
+use Rattle.ob_judge.specs.Shapes.{Shape}
+use Rattle.judged_modules.specs.steps.Procedures.{plain_procedure}
+use Rattle.judged_modules.specs.steps.Steps.{completed}
+use Rattle.check_types.specs.TypeMeaning.{type_shape}
+use Rattle.check_types.specs.declared.names.scope.Scope.{Scope}
+use Rattle.check_types.specs.declared.table.TypeTable.{TypeTable}
+use Rattle.check_types.specs.names.Worlds.{world_of}
+use Rattle.check_types.specs.names.Worlds.{table_of as table_in}
+use Rattle.check_types.specs.steps.Answers.{Answers}
+use Rattle.check_making.specs.declared.making.Declaring.{Declaring}
+use Rattle.check_making.specs.declared.making.Surroundings.{Surroundings}
+use Rattle.check_procedures.specs.Completing.{IsBody}
+use Rattle.check_procedures.specs.declared.numbers.renumbering.Numbered.{Numbered}
 
 pub parent_at : (bs : List Body) (i : ℕ) → i < length (no_parents bs) → get_elem? (no_parents bs) i ≡ some None
 parent_at [] i lt = absurd (omega (arith, lt))
@@ -28,5 +42,17 @@ run_within [] fits i hint h = absurd h
 run_within (b ∷ bs) fits zero hint h = omega arith
 run_within (b ∷ bs) fits (suc i) hint h = let l = run_within bs fits i hint h in omega (arith, l)
 
-pub found_at : (bs : List Body) (i : ℕ) (x y : Body) → i < length bs → x ≡ get_or bs i x → slice_get bs i ≡ Some y → x ≡ y
-found_at bs i x y lt is there = same_Some x y (sym (slice_get_read bs (length bs) i x refl lt is) ∙ there)
+-- a body that was read
+pub found_at : (bs : List Body) (i : ℕ) (x : Body) → i < length bs → x ≡ get_or bs i x → slice_get bs i ≡ Some (get_or bs i x)
+found_at bs i x lt is = slice_get_read bs (length bs) i x refl lt is ∙ ap Some is
+
+-- a body that was judged in its scope
+module _ (r : Surroundings) (s : Declaring) (bs : List Body) (i : ℕ) (x : Body) (there : slice_get bs i ≡ Some x)
+    (scope : Scope) (world : world_of scope ≡ world_inside r s x) (types : scope.types.now ≡ s.types.table) (n : Numbered) where
+  pub judged_at : ((m : Making) (h : Listed × Shape) → world_of scope ≡ m.world → type_shape (table_in scope) x.heading.outcome ≡ h.1
+      → Answers (IsBody r.source.now (plain_procedure x.tree.now) h m scope.types.now) (completed r.source.now (plain_procedure x.tree.now) h m) (Ok n)) → IsJudgedAt r s bs i n
+  judged_at judged b at_b = subst (λ y. IsJudged r s y n) (same_Some x b (sym there ∙ at_b)) (record {
+    each = λ m h at outcome.
+        subst (λ t. Answers (IsBody r.source.now (plain_procedure x.tree.now) h m t) (completed r.source.now (plain_procedure x.tree.now) h m) (Ok n)) types
+        (judged m h (world ∙ at) (ap (λ (t : TypeTable). type_shape t.types x.heading.outcome) types ∙ outcome));
+  })

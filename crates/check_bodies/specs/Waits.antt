@@ -1,8 +1,8 @@
 -- Procedures whose bodies wait, as code holds them.
-use Rattle.std.specs.Prelude.{◌≡◌, ◌<◌, ℕ, List, [], ◌∷◌, ◌++◌, length, map, false, Option, Some, None, Ok, slice_get}
+use Rattle.std.specs.Prelude.{◌≡◌, ℕ, List, [], ◌∷◌, ◌++◌, length, map, false, Option, Some, None, Ok, slice_get}
 use Rattle.ob_judge.specs.Making.{Making, last_names}
 use Rattle.ob_judge.specs.Parameters.{Listed}
-use Rattle.ob_judge.specs.Scopes.{Entry, World}
+use Rattle.ob_judge.specs.Scopes.{World}
 use Rattle.ob_judge.specs.Shapes.{Shape}
 use Rattle.ob_judge.specs.Standards.{predeclared}
 use Rattle.judged_tree.specs.Tables.{are_before}

@@ -34,7 +34,7 @@ fn set_aside<'a>(
     ensures settled { OnOk result (IsSettled round.now state.new.declaring) }
     ensures types { OnOk result (state.new.declaring.types ≡ state.old.declaring.types) }
     ensures more { OnOk result (length state.old.procedures.items ≤ length state.new.procedures.items) }
-    ensures tree { IfOk result (λ b. b.tree ≡ tree) }
+    ensures tree { IfOk result (λ b. b.tree ≡ tree.entry) }
     ensures waits { IfOk result (λ b. (j : JudgedOpen) (m : Making) → IsOpened round.now state.old opened (record j { inner = m })
         → IsSetAside round.now state.new b j m) }
 {
@@ -77,11 +77,12 @@ pub fn put_off<'a>(
     ensures settled { OnOk result (IsSettled round.now state.new.declaring) }
     ensures later { OnOk result (IsLater state.old.declaring.types.table state.new.declaring.types.table) }
     ensures more { OnOk result (length state.old.procedures.items ≤ length state.new.procedures.items) }
-    ensures tree { IfOk result (λ b. b.tree ≡ tree) }
+    ensures tree { IfOk result (λ b. b.tree ≡ tree.entry) }
     ensures waits { IfOk result (λ b. (c : SoFar) (m : Making) → Represents round.now state.old m → Upright c m → IsPutOff round.now state.new b m) }
 {
     let opened = open_procedure(state, round, &tree.name, &tree.formals)?;
     let scope = scope_of(state, round, lines, opened.outer.depth);
     declarations(state, &scope, lines, &tree.decls)?;
-    set_aside(state, round, tree, opened)
+    let body = set_aside(state, round, tree, opened)?;
+    Ok(body)
 }

@@ -18,7 +18,7 @@ pub struct Bodies<'a> {
     pub round: &'a Surroundings<'a>,
     pub state: &'a Declaring,
     pub bodies: &'a [Body<'a>],
-    pub ghost numbers: { NumbersAll state.now.types.table },
+    pub ghost numbers: { ∥ NumbersAll state.now.types.table ∥₁ },
     pub ghost few: { length bodies.now ≤ 262144 },
 }
 
@@ -46,7 +46,12 @@ impl<'a> Work for Bodies<'a> {
         self.bodies[number as usize].number
     }
 
-    fn run<'b>(&'b self, alloc: Global, number: u32, hint: Option<&'b ()>) -> Result<Numbered, Memory> {
+    fn run<'b>(
+        &'b self,
+        alloc: Global,
+        number: u32,
+        hint: Option<&'b ()>,
+    ) -> Result<Numbered, Memory> {
         let _ = alloc;
         let _ = hint;
         let body = &self.bodies[number as usize];
