@@ -1,3 +1,5 @@
+pub mod Coming
+pub mod Filling
 pub mod Handing
 pub mod Numbers
 pub mod PuttingOff

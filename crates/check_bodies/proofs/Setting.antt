@@ -1,5 +1,5 @@
 -- A procedure whose scope is closed, and what waits then.
-use Rattle.std.proofs.Common.{◌≡◌, ℕ, suc, List, [], ◌∷◌, ◌++◌, map, length, Option, refl, sym, ap, ap₂, ◌∙◌, subst}
+use Rattle.std.proofs.Common.{◌≡◌, ◌<◌, ℕ, suc, List, [], ◌∷◌, ◌++◌, map, length, Option, refl, sym, ap, ap₂, ◌∙◌, subst}
 use Rattle.std.specs.Prelude.{Vec}
 use Rattle.std.specs.Global.{Global}
 use Rattle.ob_types.specs.declared.characters.Characters.{Characters}
@@ -35,7 +35,7 @@ use Rattle.check_procedures.specs.Open.{CanBeClosed, IsOpened}
 use Rattle.check_bodies.specs.declared.body.Body.{Body}
 use Rattle.check_bodies.specs.PutOff.{waiting_of, IsSetAside}
 use Rattle.check_bodies.specs.Strings.{AreAlike}
-use Rattle.check_bodies.specs.Waits.{Waits}
+use Rattle.check_bodies.specs.Waits.{Fits, Waits}
 
 -- ---- the last scope
 
@@ -61,8 +61,6 @@ waits_beside s t b w types strings h = record {
   locals = subst (λ (z : TableBuilder). HasLocals z.table b.locals w.inner) (sym types) h.locals;
   names = h.names ∙ named;
   names_stay = λ u others g. h.names_stay u others (subst (λ (z : TableBuilder). Grows z.table u) types g) ∙ named;
-  formals = subst (λ (z : TableBuilder). are_before (length z.table.entries.items) b.heading.listed.formals) (sym types) h.formals;
-  outcome = subst (λ (z : TableBuilder). IsNumbered z.table.entries.items b.heading.outcome) (sym types) h.outcome;
 }
   where
     named : names_of (table_of s) (strings_of s) b.names ≡ names_of (table_of t) (strings_of t) b.names
@@ -94,8 +92,6 @@ module _ (r : Surroundings) (o : OpenProcedure) (s : Building) (t : Declaring) (
         ∙ ap (λ ls. last_names (predeclared ∷ map (names_of (table_of s.declaring) (strings_of s.declaring)) ls)) levels
         ∙ last_of (names_of (table_of s.declaring) (strings_of s.declaring)) b.names predeclared t.levels.items;
     names_stay = λ u others g. alike.names u.types others (strings_of s.declaring ++ []) ∙ own_stays.names u [] g;
-    formals = subst (λ h. are_before (length s.declaring.types.table.entries.items) h.listed.formals) (sym heading) closable.formals;
-    outcome = subst (λ h. IsNumbered s.declaring.types.table.entries.items h.outcome) (sym heading) closable.outcome;
   }
 
   pub set_aside : (j : JudgedOpen) (m : Making) → IsOpened r s o (record j { inner = m }) → IsSetAside r (record s { declaring = t }) b j m
@@ -105,4 +101,11 @@ module _ (r : Surroundings) (o : OpenProcedure) (s : Building) (t : Declaring) (
       procedures = subst (λ z. TheyStandFor z.table s.procedures.items m.procedures) (sym types) opened.represents.procedures;
     };
     waits = waits_beside s.declaring t b (waiting_of j m) types strings (waits_there j m opened);
+  }
+
+  pub fits_there : Fits (record s { declaring = t }) b
+  fits_there = record {
+    number = subst (λ n. n < length s.procedures.items) (sym number) closable.number;
+    formals = subst (λ h. are_before (length t.types.table.entries.items) h.listed.formals) (sym heading) (subst (λ (z : TableBuilder). are_before (length z.table.entries.items) o.heading.listed.formals) (sym types) closable.formals);
+    outcome = subst (λ h. IsNumbered t.types.table.entries.items h.outcome) (sym heading) (subst (λ (z : TableBuilder). IsNumbered z.table.entries.items o.heading.outcome) (sym types) closable.outcome);
   }

@@ -1,7 +1,12 @@
 -- What the tasks of bodies give, once all have ended.
 use Rattle.std.proofs.Common.{◌≡◌, ℕ, zero, suc, ◌<◌, List, [], ◌∷◌, length, get_or, Option, Some, None, refl, sym, ap, ◌∙◌, subst, arith}
-use Rattle.std.specs.Prelude.{slice_get, Ok}
-use Rattle.std.proofs.lemmas.Option.{same_Some, slice_get_read}
+use Rattle.std.specs.Prelude.{slice_get, IfOk, Result, Ok, Err, Vec}
+use Rattle.std.specs.Global.{Global}
+use Rattle.std.proofs.lemmas.List.{length-map}
+use Rattle.outside.specs.declared.memory.Memory.{Memory}
+use Rattle.trace_pool.specs.Ends.{AreFinal}
+use Rattle.check_bodies.specs.Settled.{AreJudged}
+use Rattle.std.proofs.lemmas.Option.{same_Some, slice_get_read, slice_get_within}
 use mathlib.Core.Option.{some, some-injective, some-ne-none}
 use lib.ListN.{get_elem?}
 use Rattle.pool_core.specs.Tree.{IsTree}
@@ -56,3 +61,24 @@ module _ (r : Surroundings) (s : Declaring) (bs : List Body) (i : ℕ) (x : Body
         subst (λ t. Answers (IsBody r.source.now (plain_procedure x.tree.now) h m t) (completed r.source.now (plain_procedure x.tree.now) h m) (Ok n)) types
         (judged m h (world ∙ at) (ap (λ (t : TypeTable). type_shape t.types x.heading.outcome) types ∙ outcome));
   })
+
+-- each has its own
+module _ (r : Surroundings) (s : Declaring) where
+  each_judged : (bs : List Body) (ns : List Numbered) → length ns ≡ length bs → ((i : ℕ) (b : Body) (n : Numbered) → slice_get bs i ≡ Some b → get_elem? ns i ≡ some n → IsJudged r s b n) → AreJudged r s bs ns
+  each_judged [] [] e each = tt
+  each_judged [] (n ∷ ns) e each = absurd (omega (arith, e))
+  each_judged (b ∷ bs) [] e each = absurd (omega (arith, e))
+  each_judged (b ∷ bs) (n ∷ ns) e each = (each 0 b n refl refl, each_judged bs ns (omega (arith, e)) (λ i x y there at. each (suc i) x y there at))
+
+  pub all_judged : (bs : List Body) (result : Result (Vec Numbered Global) Memory) → IfOk result (λ ns. AreFinal (IsJudgedAt r s bs) (no_parents bs) ns.items) → IfOk result (λ ns. AreJudged r s bs ns.items)
+  all_judged bs (Ok ns) final = each_judged bs ns.items (final.0 ∙ long) each
+    where
+      long : length (no_parents bs) ≡ length bs
+      long = length-map bs (λ (b : Body). None)
+
+      each : (i : ℕ) (b : Body) (n : Numbered) → slice_get bs i ≡ Some b → get_elem? ns.items i ≡ some n → IsJudged r s b n
+      each i b n there at =
+          let lt = slice_get_within bs i b there in
+          let d = final.1 i (omega (arith, lt, long)) in
+          subst (IsJudged r s b) (some-injective d.0 n (sym d.1 ∙ at)) (d.2 b there)
+  all_judged bs (Err e) final = tt

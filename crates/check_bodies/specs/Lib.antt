@@ -1,3 +1,4 @@
 pub mod PutOff
+pub mod Settled
 pub mod Strings
 pub mod Waits

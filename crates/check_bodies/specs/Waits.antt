@@ -1,5 +1,5 @@
 -- Procedures whose bodies wait, as code holds them.
-use Rattle.std.specs.Prelude.{◌≡◌, ℕ, List, [], ◌∷◌, ◌++◌, length, map, false, Option, Some, None, Ok, slice_get}
+use Rattle.std.specs.Prelude.{◌≡◌, ◌<◌, ℕ, List, [], ◌∷◌, ◌++◌, length, map, false, Option, Some, None, Ok, slice_get}
 use Rattle.ob_judge.specs.Making.{Making, last_names}
 use Rattle.ob_judge.specs.Parameters.{Listed}
 use Rattle.ob_judge.specs.Scopes.{World}
@@ -21,6 +21,7 @@ use Rattle.check_making.specs.declared.making.Declaring.{Declaring}
 use Rattle.check_making.specs.declared.making.Surroundings.{Surroundings}
 use Rattle.check_making.specs.Making.{table_of, strings_of}
 use Rattle.check_making.specs.parameters.Headings.{IsHeading}
+use Rattle.check_making.specs.declared.scopes.building.Building.{Building}
 use Rattle.check_procedures.specs.Completing.{HasLocals, IsBody}
 use Rattle.check_procedures.specs.declared.numbers.renumbering.Numbered.{Numbered}
 use Rattle.check_bodies.specs.declared.body.Body.{Body}
@@ -46,8 +47,12 @@ pub record Waits (s : Declaring) (b : Body) (w : Waiting) : Type 0 where
   pub locals : HasLocals s.types.table b.locals w.inner
   pub names : last_names w.inner.world.levels ≡ names_of (table_of s) (strings_of s) b.names
   pub names_stay : (u : TypeTable) (strings : List (List ℕ)) → Grows s.types.table u → names_of u.types strings b.names ≡ names_of (table_of s) (strings_of s) b.names
-  pub formals : are_before (length s.types.table.entries.items) b.heading.listed.formals
-  pub outcome : IsNumbered s.types.table.entries.items b.heading.outcome
+
+-- its procedure can be filled in: it has its number, and its types are there
+pub record Fits (s : Building) (b : Body) : Type 0 where
+  pub number : b.number < length s.procedures.items
+  pub formals : are_before (length s.declaring.types.table.entries.items) b.heading.listed.formals
+  pub outcome : IsNumbered s.declaring.types.table.entries.items b.heading.outcome
 
 -- these are its statements and its answer, whatever state of the judgement its scope stands for
 pub record IsJudged (r : Surroundings) (s : Declaring) (b : Body) (n : Numbered) : Type 0 where

@@ -12,6 +12,7 @@ ghost use Rattle.check_procedures.specs.Open.{CanBeClosed, IsOpened};
 ghost use Rattle.check_procedures.specs.Parts.{JudgedOpen};
 ghost use Rattle.check_procedures.specs.UnderWay.{IsUnderWay};
 ghost use Rattle.check_bodies.specs.PutOff.{IsPutOff, IsSetAside};
+ghost use Rattle.check_bodies.specs.Waits.{Fits};
 
 use crate::body::Body;
 use crate::names::are_alike;
@@ -35,6 +36,7 @@ fn set_aside<'a>(
     ensures types { OnOk result (state.new.declaring.types ≡ state.old.declaring.types) }
     ensures more { OnOk result (length state.old.procedures.items ≤ length state.new.procedures.items) }
     ensures tree { IfOk result (λ b. b.tree ≡ tree.entry) }
+    ensures fits { IfOk result (λ b. Fits state.new b) }
     ensures waits { IfOk result (λ b. (j : JudgedOpen) (m : Making) → IsOpened round.now state.old opened (record j { inner = m })
         → IsSetAside round.now state.new b j m) }
 {
@@ -78,6 +80,7 @@ pub fn put_off<'a>(
     ensures later { OnOk result (IsLater state.old.declaring.types.table state.new.declaring.types.table) }
     ensures more { OnOk result (length state.old.procedures.items ≤ length state.new.procedures.items) }
     ensures tree { IfOk result (λ b. b.tree ≡ tree.entry) }
+    ensures fits { IfOk result (λ b. Fits state.new b) }
     ensures waits { IfOk result (λ b. (c : SoFar) (m : Making) → Represents round.now state.old m → Upright c m → IsPutOff round.now state.new b m) }
 {
     let opened = open_procedure(state, round, &tree.name, &tree.formals)?;
