@@ -1,9 +1,13 @@
 pub mod Coming
 pub mod Filling
 pub mod Handing
+pub mod Later
 pub mod Numbers
 pub mod PuttingOff
 pub mod Setting
 pub mod Sharing
 pub mod Strings
+pub mod Taken
 pub mod Tasks
+pub mod Turning
+pub mod Walking

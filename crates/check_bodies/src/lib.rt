@@ -9,9 +9,11 @@ mod body;
 mod names;
 mod putting_off;
 mod settling;
+mod turns;
 mod work;
 
 pub use body::Body;
 pub use putting_off::put_off;
 pub use settling::{fill_all, judged_bodies};
+pub use turns::{judge_turn, put_off_all};
 pub use work::Bodies;

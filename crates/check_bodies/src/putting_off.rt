@@ -4,6 +4,7 @@ ghost use Rattle.std.specs.Prelude.{◌≡◌, ◌≤◌, length, OnOk, IfOk};
 ghost use Rattle.ob_judge.specs.Making.{Making};
 ghost use Rattle.ob_judge.specs.Modules.{SoFar};
 ghost use Rattle.judged_outlines.specs.Upright.{Upright};
+ghost use Rattle.legal_tables.specs.Promised.{HasLegalTypes};
 ghost use Rattle.check_procedures.specs.lines.Lines.{IsLineTable};
 ghost use Rattle.check_making.specs.Making.{IsSettled};
 ghost use Rattle.check_making.specs.scopes.Building.{IsLater, Represents};
@@ -82,6 +83,8 @@ pub fn put_off<'a>(
     ensures tree { IfOk result (λ b. b.tree ≡ tree.entry) }
     ensures fits { IfOk result (λ b. Fits state.new b) }
     ensures waits { IfOk result (λ b. (c : SoFar) (m : Making) → Represents round.now state.old m → Upright c m → IsPutOff round.now state.new b m) }
+    ensures legal { (c : SoFar) (m : Making) → Represents round.now state.old m → Upright c m
+        → OnOk result (HasLegalTypes state.old.declaring.types.table → HasLegalTypes state.new.declaring.types.table) }
 {
     let opened = open_procedure(state, round, &tree.name, &tree.formals)?;
     let scope = scope_of(state, round, lines, opened.outer.depth);

@@ -2,7 +2,9 @@ use Rattle.std.proofs.Common.{subst, sym, ap, arith}
 use Rattle.check_making.proofs.Growing.{grows_on}
 use Rattle.check_making.specs.scopes.Building.{IsLater}
 use Rattle.check_making.specs.Making.{IsSettled}
+use Rattle.legal_tables.specs.Promised.{HasLegalTypes}
 use Rattle.check_procedures.proofs.Opens.{still_closable}
+use Rattle.check_procedures.proofs.Scoped.{legal_inside}
 use Rattle.check_bodies.proofs.PuttingOff.{is_put_off}
 use Rattle.check_bodies.proofs.putting_off.put_off.Goals as goal
 
@@ -28,3 +30,9 @@ returns-clause-waits c =
     is_put_off c.args.round.now c.args.tree.now c.scope_of-scope.result c.in_ok-opened.opened c.scope_of-scope.ensures.deeper c.args.state.now c.open_procedure.new.state c.in_ok-opened.ensures.judged c.declarations.new.state c.set_aside.new.state
     c.in_ok-opened.ensures.closable c.in_ok-opened.ensures.settled.built c.in_ok-declarations.ensures.settled.built c.in_ok-declarations.ensures.later.grows c.in_ok-declarations.ensures.judged
     c.in_ok-body.body (ap (λ z. z.now) c.in_ok-body.ensures.tree) c.in_ok-body.ensures.waits
+
+pub returns-clause-legal : goal.returns-clause-legal
+returns-clause-legal c = λ k m represents up legal.
+    subst (λ z. HasLegalTypes z.table) (sym c.in_ok-body.ensures.types)
+    (legal_inside c.args.round.now c.args.tree.now c.scope_of-scope.result c.in_ok-opened.opened c.scope_of-scope.ensures.deeper c.args.state.now c.open_procedure.new.state c.in_ok-opened.ensures.judged c.declarations.new.state c.in_ok-declarations.ensures.legal k m represents up
+    (c.in_ok-opened.ensures.legal k m represents up legal))
